@@ -11,6 +11,7 @@ use Rattle.water_model.specs.CutSets.{CutSets, set_of}
 use Rattle.water_model.specs.Draws.{AreDrawn, AreSited, AreTaken, IsSited, cap_of}
 use Rattle.water_model.specs.Stores.{drawing_node, drawn_node}
 use Rattle.water_model.specs.declared.types.Basin.{Basin}
+use Rattle.stored_water.specs.Shown.{IsShownBy}
 use Rattle.water_text.specs.declared.month.Month.{Month}
 
 -- what is taken at each node with what was drawn in a month: more by what was drawn there, and less by what was drawn
@@ -69,7 +70,7 @@ AnswersShowDraws =
     CanHaveStop (length m.basin.nodes) before k → IsFullOrStopped (with_draw m k amount) k cap amount before after →
     length flow ≡ length m.basin.links → length out ≡ length m.basin.nodes →
     IsCourse (with_draw m k amount) (slice_index flow) (slice_index out) →
-    courses.IsShownBy m.basin m.month (slice_index m.held) m.supply taken (reservoir_of m.draws k)
+    IsShownBy m.basin m.month (slice_index m.held) m.supply taken (reservoir_of m.draws k)
     (diversion_of m.draws k) cap amount flow out (set_of after k)
 
 -- a month of the basin's own draws, of which the first `count` have these amounts, and no other has been drawn

@@ -8,7 +8,8 @@ use Rattle.water_model.specs.Basin.{taking_node, takes_at, instream_link, is_at,
 use Rattle.water_model.specs.Courses.{IsCourse, HasCourse, IsGreatestDraw, IsGreatestWithin, IsStop, IsGreatestStop}
 use Rattle.water_model.specs.Courses.{IsCapOrStop, after_draw, held_on}
 use Rattle.water_model.specs.Cuts.{IsTight}
-use Rattle.water_model.specs.Draws.{AreTaken, AreDrawn, AreShownBy, AreSited, IsSited, cap_of, taken_with, got_by}
+use Rattle.water_model.specs.Draws.{AreTaken, AreDrawn, AreSited, IsSited, cap_of, taken_with, got_by}
+use Rattle.stored_water.specs.Shown.{AreShownBy}
 use Rattle.water_model.specs.Lookups.{has}
 use Rattle.water_model.specs.Plans.{IsPlan, delivery, carry_of, inflow_to, outflow_from}
 use Rattle.water_model.specs.Stores.{is_owned, sum_in_zone, sum_at_node, drawn_node, drawing_node}

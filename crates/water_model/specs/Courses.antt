@@ -1,6 +1,6 @@
 -- The course of a month's water where what is taken at each node is given, and draws.
 use Rattle.std.specs.Prelude.{◌≡◌, ℕ, ◌+◌, ◌-◌, ◌<◌, ◌≤◌, ◌⊎◌, Bool, false, List, length, slice_index, slice_set}
-use Rattle.std.specs.Prelude.{IsTrue, Option, Some, None}
+use Rattle.std.specs.Prelude.{IsTrue}
 use Rattle.finite_sums.specs.Sums.{total_where, greatest_where}
 use Rattle.water_model.specs.Lookups.{has}
 use Rattle.water_model.specs.Basin.{is_outlet, is_on_link}
@@ -85,17 +85,6 @@ pub record IsGreatestStop (b : Basin) (month : Month) (held : ℕ → ℕ) (supp
     pub is_stop : IsStop b month held supply taken from to set
     pub contains : (other : List Bool) → IsStop b month held supply taken from to other →
         (n : ℕ) → IsTrue (has other n) → IsTrue (has set n)
-
--- What a record shows of a draw: that it is within its cap, a course with it, and a stop where it is below its cap. A
--- draw that is its cap has no set.
-pub record IsShownBy (b : Basin) (month : Month) (held : ℕ → ℕ) (supply taken : List ℕ) (from to cap amount : ℕ)
-    (flow out : List ℕ) (set : Option (List Bool)) : Type 0
-  where
-    pub within : amount ≤ cap
-    pub course : IsCourse b month held supply (after_draw taken from to amount) flow out
-    pub full : amount ≡ cap → set ≡ None
-    pub stopped : amount < cap → (stop : List Bool) × (set ≡ Some stop)
-        × IsStop b month held supply (after_draw taken from to amount) from to stop
 
 -- a draw is its cap, or it has a stop
 abbrev pub IsCapOrStop : Basin → Month → (ℕ → ℕ) → List ℕ → List ℕ → ℕ → ℕ → ℕ → ℕ → Type 0

@@ -1,12 +1,11 @@
 -- The draws of a month, one after another: their caps, what is taken at each node, and how much is drawn. An amount by
 -- draw has one number for each draw, in the order of the basin.
-use Rattle.std.specs.Prelude.{◌≡◌, ℕ, ◌+◌, ◌-◌, ◌<◌, min, not, ◌&&◌, Bool, List, length, slice_index, slice_get}
-use Rattle.std.specs.Prelude.{Option, Some}
+use Rattle.std.specs.Prelude.{◌≡◌, ℕ, ◌+◌, ◌-◌, ◌<◌, min, not, ◌&&◌, List, length, slice_index, slice_get, Some}
 use Rattle.finite_sums.specs.Sums.{total_where}
 use Rattle.water_model.specs.Lookups.{of_entry}
 use Rattle.water_model.specs.Accounts.{Ledger, stock_of, drawn_from, drawn_by}
 use Rattle.water_model.specs.Basin.{takes_at, is_at}
-use Rattle.water_model.specs.Courses.{IsGreatestDraw, IsShownBy}
+use Rattle.water_model.specs.Courses.{IsGreatestDraw}
 use Rattle.water_model.specs.Hydrology.{want_by_volume, in_year}
 use Rattle.water_model.specs.Stores.{is_owned, drawing_node, drawn_node, sum_at_node}
 use Rattle.water_text.specs.declared.month.Month.{Month}
@@ -66,17 +65,6 @@ pub record AreDrawn (b : Basin) (month : Month) (held : ℕ → ℕ) (supply : L
         drawing_node b j ≡ Some to → (taken : List ℕ) → AreTaken b delivered l j amounts taken →
         IsGreatestDraw b month held supply taken from to (cap_of b asked number delivered l amounts j)
         (slice_index amounts j)
-
--- What a record shows of a month's draws: for each, after those before it, a course, and a stop where it is below its
--- cap.
-pub record AreShownBy (b : Basin) (month : Month) (held : ℕ → ℕ) (supply : List ℕ) (asked number : ℕ → ℕ)
-    (delivered : List ℕ) (l : Ledger) (amounts : List ℕ) (flow out : ℕ → List ℕ) (set : ℕ → Option (List Bool)) : Type 0
-  where
-    pub one_each : length amounts ≡ length b.draws
-    pub each : (j : ℕ) → j < length b.draws → (from to : ℕ) → drawn_node b j ≡ Some from →
-        drawing_node b j ≡ Some to → (taken : List ℕ) → AreTaken b delivered l j amounts taken →
-        IsShownBy b month held supply taken from to (cap_of b asked number delivered l amounts j)
-        (slice_index amounts j) (flow j) (out j) (set j)
 
 -- what a diversion got in all in a month, by which its returns go: its delivery and its draws
 abbrev pub got_by : Basin → (delivered amounts : List ℕ) → ℕ → ℕ
