@@ -79,6 +79,7 @@ fn rows(alloc: Global, rows: &[(u32, u32, u32, u32)]) -> Result<Vec<ReturnRow>, 
             node: *node,
             part: *part,
             lag: *lag,
+            rest: 0,
         })?;
     }
     Ok(list)
