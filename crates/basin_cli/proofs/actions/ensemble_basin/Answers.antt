@@ -1,7 +1,6 @@
 use Rattle.index_seq.specs.Text.{ensemble_text}
 use Rattle.index_seq.specs.Traces.{AreTraces}
-use Rattle.water_edge.proofs.Outputs.{Extends-kept}
-use Rattle.basin_cli.proofs.Flushed.{prefixes}
+use Rattle.basin_cli.proofs.Flushed.{kept, prefixes}
 use Rattle.basin_cli.proofs.actions.ensemble_basin.Goals as goal
 
 pub returns-in-Err-clause-leaves : goal.returns-in-Err-clause-leaves
@@ -11,8 +10,5 @@ returns-in-Err-clause-leaves g c = λ _.
 
 pub returns-in-Ok-flush-clause-leaves : goal.returns-in-Ok-flush-clause-leaves
 returns-in-Ok-flush-clause-leaves g c = λ _.
-    (let t = c.in-Ok.ensures.text in (
-      t.0,
-      t.1,
-      Extends-kept _ _ _ (ensemble_text c.args.basin.now t.0) t.2 c.in-Ok-flush.ensures.bytes,
-    ))
+    kept (AreTraces c.args.basin.now c.args.series.now) (ensemble_text c.args.basin.now) _ _ _ c.in-Ok.ensures.text
+    c.in-Ok-flush.ensures.bytes

@@ -1,4 +1,4 @@
-use Rattle.std.proofs.Common.{refl, rules}
+use Rattle.std.proofs.Common.{rules}
 use Rattle.basin_cli.specs.Command.{named}
 use Rattle.basin_cli.specs.Failed.{pair_to}
 use Rattle.basin_cli.proofs.Failing.{at_none_prints, stops_at_none}

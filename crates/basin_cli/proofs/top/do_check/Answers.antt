@@ -1,5 +1,4 @@
-use Rattle.std.proofs.Common.{arith, refl, rules, subst, ap, ◌∙◌, List, Option, ℕ}
-use Rattle.std.proofs.lemmas.Grind.{common_steps}
+use Rattle.std.proofs.Common.{rules, subst, ap, ◌∙◌, List, Option, ℕ}
 use Rattle.std.specs.Prelude.{IfSome}
 use Rattle.water_edge.specs.Edge.{Rose}
 use Rattle.basin_cli.specs.Actions.{EndsChecking}
@@ -34,6 +33,7 @@ returns g c = λ count.
     let series = c.in-Ok.files.series in
     let read = c.in-Ok.ensures in
     let how = c.check_file-ending.result in
+    let did = c.check_file-ending.ensures in
     let mid = Rose (g.S.Shelf.faults c.read_inputs.new.shelf) (g.S.Shelf.faults c.check_file-ending.new.shelf) in
     let write = Rose (g.K.Sink.faults c.args.out.now) (g.K.Sink.faults c.check_file-ending.new.out) in
     let old = g.K.Sink.output c.args.out.now in
@@ -43,22 +43,20 @@ returns g c = λ count.
           checking_cause known files b series read.valid read.fits read.loaded asked result how _ _
           (ends_later asked b series (known result) how _ _ _ (rose_since _ _ _ read.later)
           (subst (λ (o : Option (List ℕ)). EndsChecking asked b series o how mid write) (read.same.known result)
-          c.check_file-ending.ensures.ends));
+          did.ends));
       asked =
-          checking_asks asked files result b series _ how _ _ _ _ _ c.check_file-ending.ensures.ends read.reads
-          c.check_file-ending.ensures.reads;
+          checking_asks asked files result b series _ how _ _ _ _ _ did.ends read.reads
+          did.reads;
       can_be_printed = search rules;
       writes =
           checking_writes known files b series read.valid read.fits read.loaded asked result (status_of how) _ _
           (subst (λ (o : Option (List ℕ)). IfSome o (λ text. MayWrite (status_of how) →
           LeavesAnswer asked b series text (status_of how) old new))
-          (read.same.known result) c.check_file-ending.ensures.leaves);
-      out_stays = c.check_file-ending.ensures.out_stays;
-      flushed = c.check_file-ending.ensures.flushed;
+          (read.same.known result) did.leaves);
+      out_stays = did.out_stays;
+      flushed = did.flushed;
       shown = tt;
-      unread =
-          unread _ how
-          (λ e not_basin not_series. ap (λ s. g.S.Shelf.asked s result) (c.check_file-ending.ensures.unread e)
+      unread = unread _ how (λ e not_basin not_series. ap (λ s. g.S.Shelf.asked s result) (did.unread e)
           ∙ c.read_inputs.ensures.asked result not_basin not_series);
       idle = search rules;
       work = search rules;

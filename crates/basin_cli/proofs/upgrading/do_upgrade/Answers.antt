@@ -1,4 +1,4 @@
-use Rattle.std.proofs.Common.{refl, rules, [], ◌∷◌}
+use Rattle.std.proofs.Common.{rules, [], ◌∷◌}
 use Rattle.std.specs.Prelude.{string_bytes}
 use Rattle.basin_cli.specs.declared.ending.File.TheVariants as file
 use Rattle.basin_cli.specs.declared.status.Status.TheVariants as its
