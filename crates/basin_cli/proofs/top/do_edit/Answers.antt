@@ -79,7 +79,7 @@ returns-in-Err g c =
           inputs_stop (inputs_and files script) _ _ files _ _ ending (λ asks. asks) (λ asks. asks)
           c.in-Err.ensures.stops c.in-Err.ensures.up_to;
       can_be_printed = search rules;
-      writes = search rules;
+      writes = grind (arith, common_steps);
       out_stays = λ _. refl;
       flushed = search rules;
       shown = unread _ ending (λ _. inl refl);
